@@ -1,6 +1,6 @@
 -- Laws of the way back, in the terms of the loop that takes it.
 use mathlib.Core.Path.{◌≡◌, refl, sym, ap, ◌∙◌}
-use mathlib.Core.Bool.{Bool, true, cond, ◌&&◌}
+use mathlib.Core.Bool.{true, cond, ◌&&◌}
 use Prim.Native.Nat.{ℕ, zero, suc, ◌+◌, ◌-◌, ◌*◌, ◌≤◌, ◌<◌}
 use mathlib.Core.List.{List, [], ◌∷◌, ◌++◌, append_assoc, append-nil}
 use native.Mathlib.Omega.{arith}
@@ -10,12 +10,9 @@ use lib.Seq.{take-suc, set_at, drop_at, length-take-le}
 use native.Mathlib.Numerals.{add-one}
 use borrow.Author.Tests.{lt-ltb, le-leb, eq-eqb, leb-true, ltb-true, eqb-true}
 use Rattle.pictures.specs.Pictures.{largest_side}
-use Rattle.grids.specs.Table.{table}
-use Rattle.grids.specs.Rows.{flat}
 use Rattle.grids.proofs.Bools.{both}
-use Rattle.seam_theory.specs.Sums.{CostRows, came_from, ways_up, columns_to}
+use Rattle.seam_theory.specs.Sums.{came_from, columns_to}
 use Rattle.seam_theory.proofs.Ways.{came_inside}
-use Rattle.seam_theory.proofs.Sums.{ways-long}
 use Rattle.seam_find.specs.Tracing.{traceable, traced}
 
 -- What it takes that there is a path to trace.

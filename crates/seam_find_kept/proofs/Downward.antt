@@ -15,13 +15,14 @@ use Rattle.grids.proofs.Parts.{last_part}
 use Rattle.pictures.specs.declared.sizes.Size.{Size}
 use Rattle.seam_theory.specs.Sums.{CostRows, fenced, sum_of3, sums_down, least_to}
 use Rattle.seam_theory.proofs.Bounded.{fenced_at}
-use Rattle.seam_theory.proofs.Capped.{capped, capped_at, capped_small, capped_fenced, capped_row, capped_least}
+use Rattle.seam_theory.proofs.Capped.{capped, capped_at, capped_fenced, capped_row, capped_least}
 use Rattle.seam_sums.proofs.Turns.{least_inside}
 use Rattle.seam_sums.specs.Fences.{fence32}
 use Rattle.seam_find.specs.ByCosts.{last_sums, bottom_column, least_sum}
 use Rattle.seam_find_kept.specs.Inner.Kept.{SumLaws}
-use Rattle.seam_find_kept.specs.Inner.Rows.{capped_sum}
-use Rattle.seam_find_kept.specs.Inner.Down.{fenced_sums, kept_sums, RowsAbove, RowsGiven}
+use Rattle.seam_theory.proofs.Kept.{kept_sum, kept_first}
+use Rattle.seam_find_kept.specs.Inner.Down.{fenced_sums, RowsAbove, RowsGiven}
+use Rattle.seam_theory.proofs.Kept.{kept_sums}
 use Rattle.seam_find_kept.proofs.KeptRows.{Cheap}
 use Rattle.seam_find_kept.proofs.Small.{sums-long}
 use Rattle.seam_find_kept.proofs.Stored.{row-front, row-last, row-made, row-after}
@@ -40,25 +41,16 @@ sums-next k w i later = go (i - 1) (omega (arith, later))
         ap₂ (λ n m. table (sum_of3 (fenced_sums k w n) (k m)) w) before e ∙ next_sums k w j ∙ ap (sums_down false fence32 w k) (sym e)
 
 -- The sums of row i as they are kept, from those of the row above it.
-pub kept-next : (most : ℕ) (k : ℕ → CostRows) (w i : ℕ) (x : List ℕ) → 0 < i → x ≡ kept_sums most k w (i - 1)
-    → table (capped_sum most x (k i)) w ≡ capped most (sums_down false fence32 w k i)
+pub kept-next : (most : ℕ) (k : ℕ → CostRows) (w i : ℕ) (x : List ℕ) → 0 < i → x ≡ kept_sums most fence32 w k (i - 1)
+    → table (kept_sum most x (k i)) w ≡ capped most (sums_down false fence32 w k i)
 kept-next most k w i x later is =
-    ap (λ y. table (capped_sum most y (k i)) w) is
+    ap (λ y. table (kept_sum most y (k i)) w) is
     ∙ capped_row most (fenced_sums k w (i - 1)) (k i) w
     ∙ ap (capped most) (sums-next k w i later)
 
--- Row 0 has its costs.
-front_sums : (k : ℕ → CostRows) (w : ℕ) → (k 0).up ≡ sums_down false fence32 w k 0
-unfolding sums_down
-front_sums k w = refl
-
 module _ {n most : ℕ} {held : List ℕ → List ℕ} (laws : SumLaws n most held) (k : ℕ → CostRows) (z : Size) (w : ℕ) where
-  front_kept : Cheap k w → fenced false (min most fence32) w (k 0).up ≡ kept_sums most k w 0
-  front_kept cheap =
-      let fits : (c : ℕ) → get_or (k 0).up c 0 ≤ most = λ c. omega (arith, cheap.few 0 c, laws.costs) in
-      ap (fenced false (min most fence32) w) (sym (capped_small most (k 0).up fits))
-      ∙ sym (capped_fenced most fence32 w (k 0).up)
-      ∙ ap (λ s. capped most (fenced false fence32 w s)) (front_sums k w)
+  front_kept : Cheap k w → fenced false (min most fence32) w (k 0).up ≡ kept_sums most fence32 w k 0
+  front_kept cheap = kept_first most fence32 w k (λ c. omega (arith, cheap.few 0 c, laws.costs))
 
   pub row-first : (sums : List ℕ) → Cheap k w → 0 < z.height → z.height * ((w + 2) * n) ≤ length sums
       → held (take ((w + 2) * n) sums) ≡ fenced false (min most fence32) w (k 0).up → RowsAbove n most held k z w 1 sums
@@ -75,19 +67,19 @@ module _ {n most : ℕ} {held : List ℕ → List ℕ} (laws : SumLaws n most he
   module _ (i : ℕ) (above left next right : List ℕ) (inside : i < z.height)
       (above-long : length above ≡ i * ((w + 2) * n)) (left-long : length left ≡ n) (next-long : length next ≡ w * n)
       (room : z.height * ((w + 2) * n) ≤ length (above ++ (left ++ (next ++ right))))
-      (before : (r : ℕ) → r < i → held (row_at ((w + 2) * n) r above) ≡ kept_sums most k w r)
+      (before : (r : ℕ) → r < i → held (row_at ((w + 2) * n) r above) ≡ kept_sums most fence32 w k r)
       (right-room : n ≤ length right) (left-is : get_or (held left) 0 0 ≡ min most fence32)
       (next-is : held next ≡ capped most (sums_down false fence32 w k i)) (right-is : get_or (held right) 0 0 ≡ min most fence32) where
     abbrev all : List ℕ
     all = above ++ (left ++ (next ++ right))
 
-    made : held (take ((w + 2) * n) (left ++ (next ++ right))) ≡ kept_sums most k w i
+    made : held (take ((w + 2) * n) (left ++ (next ++ right))) ≡ kept_sums most fence32 w k i
     made =
         row-made laws (min most fence32) w left next right (capped most (sums_down false fence32 w k i)) left-long next-long right-room left-is
         next-is right-is
         ∙ sym (capped_fenced most fence32 w (sums_down false fence32 w k i))
 
-    rows : (r : ℕ) → r < i + 1 → held (row_at ((w + 2) * n) r all) ≡ kept_sums most k w r
+    rows : (r : ℕ) → r < i + 1 → held (row_at ((w + 2) * n) r all) ≡ kept_sums most fence32 w k r
     rows r h =
         ⊎_elim
         (λ (e : r ≡ i). rw e (ap held (row-after ((w + 2) * n) i above (left ++ (next ++ right)) above-long) ∙ made))
@@ -109,8 +101,8 @@ module _ {n most : ℕ} {held : List ℕ → List ℕ} (laws : SumLaws n most he
 module _ (n most : ℕ) (held : List ℕ → List ℕ) (k : ℕ → CostRows) (z : Size) (w : ℕ) where
   pub record Front (i : ℕ) (above : List ℕ) : Type 0 where
     pub long : length above ≡ i * ((w + 2) * n)
-    pub rows : (r : ℕ) → r < i → held (row_at ((w + 2) * n) r above) ≡ kept_sums most k w r
-    pub last_is : held (take (length above - (i - 1) * ((w + 2) * n)) (drop ((i - 1) * ((w + 2) * n)) above)) ≡ kept_sums most k w (i - 1)
+    pub rows : (r : ℕ) → r < i → held (row_at ((w + 2) * n) r above) ≡ kept_sums most fence32 w k r
+    pub last_is : held (take (length above - (i - 1) * ((w + 2) * n)) (drop ((i - 1) * ((w + 2) * n)) above)) ≡ kept_sums most fence32 w k (i - 1)
 
   module _ {i : ℕ} {sums : List ℕ} (needed : RowsAbove n most held k z w i sums)
       (above : List ℕ) (is : above ≡ take (i * ((w + 2) * n)) sums) where
@@ -123,7 +115,7 @@ module _ (n most : ℕ) (held : List ℕ → List ℕ) (k : ℕ → CostRows) (z
     above-long : length above ≡ i * stride
     above-long = ap length is ∙ length-take-le (i * stride) sums fits
 
-    above-rows : (r : ℕ) → r < i → held (row_at stride r above) ≡ kept_sums most k w r
+    above-rows : (r : ℕ) → r < i → held (row_at stride r above) ≡ kept_sums most fence32 w k r
     above-rows r h =
         ap (λ b. held (row_at stride r b)) is ∙ ap held (row-front stride i r sums fits h) ∙ needed.rows r h
 
@@ -142,18 +134,18 @@ module _ (n most : ℕ) (held : List ℕ → List ℕ) (k : ℕ → CostRows) (z
 
 -- The last row, read between its fences: the first of the least, and how much it is.
 module _ (n most : ℕ) (held : List ℕ → List ℕ) (k : ℕ → CostRows) (z : Size) (w : ℕ) (sums : List ℕ) (cheap : Cheap k w)
-    (rows : (r : ℕ) → r < z.height → held (row_at ((w + 2) * n) r sums) ≡ kept_sums most k w r) (some : 0 < z.height) where
+    (rows : (r : ℕ) → r < z.height → held (row_at ((w + 2) * n) r sums) ≡ kept_sums most fence32 w k r) (some : 0 < z.height) where
   abbrev at : ℕ
   at = (z.height - 1) * ((w + 2) * n)
 
   abbrev last : List ℕ
   last = last_sums fence32 w z.height k
 
-  pub last_kept : held (take (at + (w + 2) * n - at) (drop at sums)) ≡ kept_sums most k w (z.height - 1)
+  pub last_kept : held (take (at + (w + 2) * n - at) (drop at sums)) ≡ kept_sums most fence32 w k (z.height - 1)
   last_kept =
       ap (λ m. held (take m (drop at sums))) (add-sub_cancel_left at ((w + 2) * n)) ∙ rows (z.height - 1) (omega (arith, some))
 
-  between : take w (drop 1 (kept_sums most k w (z.height - 1))) ≡ capped most last
+  between : take w (drop 1 (kept_sums most fence32 w k (z.height - 1))) ≡ capped most last
   between =
       ap (λ x. take w (drop 1 x)) (capped_fenced most fence32 w last)
       ∙ take_at (capped most last) (min most fence32 ∷ []) w (length-map last (min most) ∙ sums-long k w cheap (z.height - 1))

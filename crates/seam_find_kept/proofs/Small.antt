@@ -14,7 +14,8 @@ use Rattle.seam_theory.proofs.Bounded.{fenced_at, length-sums, sums-most}
 use Rattle.seam_sums.specs.Fences.{fence32}
 use Rattle.seam_find.proofs.OneRow.{sums-within}
 use Rattle.seam_theory.proofs.Capped.{capped_at}
-use Rattle.seam_find_kept.specs.Inner.Down.{fenced_sums, kept_sums}
+use Rattle.seam_find_kept.specs.Inner.Down.{fenced_sums}
+use Rattle.seam_theory.proofs.Kept.{kept_sums}
 use Rattle.seam_find_kept.proofs.KeptRows.{Cheap}
 
 -- A row that stands between fences does so by itself.
@@ -44,10 +45,10 @@ module _ (k : ℕ → CostRows) (w : ℕ) (cheap : Cheap k w) where
         (λ c h. omega (arith, fenced_at false fence32 w (sums_down false fence32 w k i) c (omega (arith, sums-long i)), sums-low c h))
 
     -- As it is kept neither.
-    pub kept-small : (most c : ℕ) → get_or (kept_sums most k w i) c 0 ≤ fence32
+    pub kept-small : (most c : ℕ) → get_or (kept_sums most fence32 w k i) c 0 ≤ fence32
     kept-small most c = omega (arith, capped_at most (fenced_sums k w i) c, fenced-small c)
 
-  pub kept-long : (most i : ℕ) → length (kept_sums most k w i) ≡ w + 2
+  pub kept-long : (most i : ℕ) → length (kept_sums most fence32 w k i) ≡ w + 2
   kept-long most i =
       let s = sums_down false fence32 w k i in
       length-map (fenced_sums k w i) (min most) ∙ omega (arith, length-append s (fence32 ∷ []), sums-long i)

@@ -1,116 +1,20 @@
 -- The way back: which way leads where, and that none leads past an edge.
-use mathlib.Core.Path.{◌≡◌, refl, sym, ap, ◌∙◌, subst}
+use mathlib.Core.Path.{◌≡◌, sym, ap, ◌∙◌}
 use mathlib.Core.Bool.{false}
-use mathlib.Core.Logic.{◌⊎◌, inl, inr, ⊎_elim}
-use mathlib.Core.List.{List, []}
-use Prim.Native.Nat.{ℕ, suc, ◌+◌, ◌-◌, ◌≤◌, ◌<◌, min}
+use mathlib.Core.List.{List}
+use Prim.Native.Nat.{ℕ, suc, ◌+◌, ◌-◌, ◌≤◌, ◌<◌}
 use native.Mathlib.Omega.{arith}
 use native.Mathlib.Numerals.{add-one}
-use lib.ListN.{length, get_or}
-use lib.Seq.{get_or_at}
-use borrow.Author.Tests.{le-leb, lt-leb}
-use Rattle.grids.proofs.Orders.{le-or-lt}
-use Rattle.grids.proofs.Tables.{table_at}
-use Rattle.seam_theory.specs.Sums.{CostRows, fenced, first_of3, left_sum, up_sum, right_sum, sum_of3, way_of3, came_from, sums_down, ways_up}
-use Rattle.seam_theory.proofs.Bounded.{fenced_at}
-use Rattle.seam_theory.proofs.Ways.{way_plain, came_inner}
+use lib.ListN.{get_or}
+use Rattle.seam_theory.specs.Sums.{CostRows, sum_of3, way_of3, came_from, sums_down, ways_up}
 use Rattle.pictures.specs.Limits.{most_side}
 use Rattle.seam_sums.specs.Fences.{fence32}
 use Rattle.seam_theory.proofs.Capped.{capped_way}
-use Rattle.seam_find_kept.specs.Inner.Down.{fenced_sums, kept_sums}
+use Rattle.seam_theory.proofs.Falling.{way-within, way-leads, way_is, sum_is, sum_falls}
+use Rattle.seam_find_kept.specs.Inner.Down.{fenced_sums}
+use Rattle.seam_theory.proofs.Kept.{kept_sums}
 use Rattle.seam_find_kept.proofs.KeptRows.{Cheap}
 use Rattle.seam_find_kept.proofs.Small.{sums-long, sums-low}
-
--- Which of three is the least, the first of equals.
-data Which (x y z way : ℕ) : Type 0 where
-  first : way ≡ 0 → x ≤ min y z → Which x y z way
-  second : way ≡ 1 → y < x → y ≤ z → Which x y z way
-  third : way ≡ 2 → z < x → z < y → Which x y z way
-
-which : (x y z : ℕ) → Which x y z (first_of3 x y z)
-unfolding first_of3
-which x y z = go (le-or-lt x (min y z)) (le-or-lt y z)
-  where
-    go : (x ≤ min y z) ⊎ (min y z < x) → (y ≤ z) ⊎ (z < y) → Which x y z (first_of3 x y z)
-    go (inl l) m = first (rw (le-leb x (min y z) l) refl) l
-    go (inr l) (inl m) = second (rw (lt-leb x (min y z) l, le-leb y z m) refl) (omega arith) m
-    go (inr l) (inr m) = third (rw (lt-leb x (min y z) l, lt-leb y z m) refl) (omega arith) m
-
--- Below a row of sums of which none with the cost of coming from straight above reaches the fence.
-module _ (fence w : ℕ) (s : List ℕ) (k : CostRows) (long : length s ≡ w) (c : ℕ) (inside : c < w)
-    (low : get_or s c 0 + get_or k.up c 0 < fence) where
-  abbrev x : List ℕ
-  x = fenced false fence w s
-
-  abbrev way : ℕ
-  way = way_of3 false w (fenced false fence w s) k c
-
-  up_is : up_sum x k c < fence
-  up_is = omega (arith, fenced_at false fence w s c (omega arith), low)
-
-  left-fence : c ≡ 0 → fence ≤ left_sum x k c
-  left-fence e = let f : get_or x c 0 ≡ fence = ap (λ n. get_or x n 0) e in omega arith
-
-  right-fence : c + 1 ≡ w → fence ≤ right_sum x k c
-  right-fence e =
-      let at : c + 2 ≡ suc w = omega arith in
-      let f : get_or x (c + 2) 0 ≡ fence = ap (λ n. get_or x n 0) at ∙ get_or_at s fence [] 0 w long in
-      omega arith
-
-  plain : way ≡ first_of3 (left_sum x k c) (up_sum x k c) (right_sum x k c)
-  plain = way_plain false w x k c (inr refl) (inr refl)
-
-  -- The way of column c leads to one of the columns.
-  record Within (way : ℕ) : Type 0 where
-    later : 0 < c + way
-    before : c + way ≤ w
-
-  way-within : Within way
-  way-within =
-      go
-      (subst (Which (left_sum x k c) (up_sum x k c) (right_sum x k c)) (sym plain)
-      (which (left_sum x k c) (up_sum x k c) (right_sum x k c)))
-    where
-      go : Which (left_sum x k c) (up_sum x k c) (right_sum x k c) way → Within way
-      go (first e l) = record {
-        later = ⊎_elim (λ (z : c ≤ 0). absurd (omega (arith, left-fence (omega arith), up_is))) (λ (p : 0 < c). omega arith) (le-or-lt c 0);
-        before = omega arith;
-      }
-      go (second e l m) = record { later = omega arith; before = omega arith }
-      go (third e m l) = record {
-        later = omega arith;
-        before =
-            ⊎_elim (λ (z : w ≤ c + 1). absurd (omega (arith, right-fence (omega arith), up_is))) (λ (p : c + 1 < w). omega arith)
-            (le-or-lt w (c + 1));
-      }
-
-  way-leads : c + way - 1 ≡ came_from w c way
-  way-leads = sym (came_inner w c way way-within.later way-within.before)
-
-  -- The sum there isn't more than the sum that comes from it.
-  came-low : get_or s (came_from w c way) 0 ≤ sum_of3 x k c
-  unfolding sum_of3
-  came-low =
-      let there : c + way ≡ came_from w c way + 1 = omega (arith, way-leads, way-within.later) in
-      let inside : came_from w c way < length s = omega (arith, there, way-within.before, long) in
-      let is : get_or x (c + way) 0 ≡ get_or s (came_from w c way) 0 =
-      ap (λ n. get_or x n 0) there ∙ fenced_at false fence w s (came_from w c way) inside in
-      go is
-      (subst (Which (left_sum x k c) (up_sum x k c) (right_sum x k c)) (sym plain)
-      (which (left_sum x k c) (up_sum x k c) (right_sum x k c)))
-    where
-      go : get_or x (c + way) 0 ≡ get_or s (came_from w c way) 0 → Which (left_sum x k c) (up_sum x k c) (right_sum x k c) way
-          → get_or s (came_from w c way) 0 ≤ min (left_sum x k c) (min (up_sum x k c) (right_sum x k c))
-      go is (first e l) = let at : get_or x (c + way) 0 ≡ get_or x c 0 = ap (λ n. get_or x n 0) (omega (arith, e)) in omega (arith, is, at, l)
-      go is (second e l m) = let at : get_or x (c + way) 0 ≡ get_or x (c + 1) 0 = ap (λ n. get_or x (c + n) 0) e in omega (arith, is, at, l, m)
-      go is (third e m l) = let at : get_or x (c + way) 0 ≡ get_or x (c + 2) 0 = ap (λ n. get_or x (c + n) 0) e in omega (arith, is, at, m, l)
-
--- The way of column c of row i + 1.
-way_is : (fence w : ℕ) (costs : ℕ → CostRows) (i c : ℕ) → c < w
-    → get_or (ways_up false fence w costs i) c 0
-    ≡ way_of3 false w (fenced false fence w (sums_down false fence w costs i)) (costs (suc i)) c
-unfolding ways_up
-way_is fence w costs i c l = table_at (way_of3 false w (fenced false fence w (sums_down false fence w costs i)) (costs (suc i))) w c 0 l
 
 -- A step up from column c of row i + 1, where its sum is below `most`, x being the sums of row i as they are kept.
 pub record Stepped (k : ℕ → CostRows) (w i c way : ℕ) : Type 0 where
@@ -124,10 +28,7 @@ module _ (k : ℕ → CostRows) (w i c : ℕ) (cheap : Cheap k w) (few : i < mos
   low-up : get_or above c 0 + get_or (k (suc i)).up c 0 < fence32
   low-up = omega (arith, sums-low k w cheap i few c inside, cheap.few (suc i) c)
 
-  up-way : get_or (ways_up false fence32 w k i) c 0 ≡ way_of3 false w (fenced_sums k w i) (k (suc i)) c
-  up-way = way_is fence32 w k i c inside
-
-  pub stepped : (most way : ℕ) (x : List ℕ) → x ≡ kept_sums most k w i → sum_of3 (fenced_sums k w i) (k (i + 1)) c < most
+  pub stepped : (most way : ℕ) (x : List ℕ) → x ≡ kept_sums most fence32 w k i → sum_of3 (fenced_sums k w i) (k (i + 1)) c < most
       → way ≡ way_of3 false w x (k (i + 1)) c
       → Stepped k w i c way
   stepped most way x is low told =
@@ -138,13 +39,12 @@ module _ (k : ℕ → CostRows) (w i c : ℕ) (cheap : Cheap k w) (few : i < mos
       ∙ ap (λ n. way_of3 false w (fenced_sums k w i) (k n) c) (add-one i) in
       record {
         later = omega (arith, it, (way-within fence32 w above (k (suc i)) (sums-long k w cheap i) c inside low-up).later);
-        leads = ap (λ v. c + v - 1) it ∙ way-leads fence32 w above (k (suc i)) (sums-long k w cheap i) c inside low-up ∙ ap (came_from w c) (sym up-way);
+        leads = ap (λ v. c + v - 1) it ∙ way-leads fence32 w above (k (suc i)) (sums-long k w cheap i) c inside low-up ∙ ap (came_from w c) (sym (way_is fence32 w k cheap.wide i c inside low-up));
       }
 
   -- The sum of column c of row i + 1, and that of the column above from which it comes.
   pub sum-next : get_or (sums_down false fence32 w k (i + 1)) c 0 ≡ sum_of3 (fenced_sums k w i) (k (i + 1)) c
-  unfolding sums_down
-  sum-next = rw (add-one i) (table_at (sum_of3 (fenced_sums k w i) (k (suc i))) w c 0 inside)
+  sum-next = rw (add-one i) (sum_is fence32 w k cheap.wide i c inside low-up)
 
   pub sum-falls : get_or above (came_from w c (get_or (ways_up false fence32 w k i) c 0)) 0 ≤ get_or (sums_down false fence32 w k (i + 1)) c 0
-  sum-falls = rw (up-way, sum-next, add-one i) (came-low fence32 w above (k (suc i)) (sums-long k w cheap i) c inside low-up)
+  sum-falls = rw (add-one i) (sum_falls fence32 w k cheap.wide i c inside low-up)

@@ -5,7 +5,8 @@ use native.Mathlib.Omega.{arith}
 use lib.ListN.{take}
 use Rattle.pictures.specs.Numbers.{largest_number, numbers_in}
 use Rattle.pictures.proofs.TwoBytes.{length-numbers, numbers-take, numbers_append}
-use Rattle.seam_find_kept.specs.Inner.Kept.{largest_word, words_in, SumLaws}
+use Rattle.seam_find_kept.specs.Inner.Kept.{words_in, SumLaws}
+use Rattle.seam_sums.specs.Fences.{largest_word}
 use Rattle.seam_find_kept.proofs.FourBytes.{length-words, words-take, words_append}
 
 pub pair-laws : SumLaws 2 largest_number numbers_in

@@ -8,7 +8,7 @@ ghost use Rattle.seam_theory.specs.Sums.{fenced};
 ghost use Rattle.seam_sums.specs.Fences.{fence32};
 ghost use Rattle.seam_find_kept.specs.Finding.{costs_in};
 ghost use Rattle.seam_find_kept.specs.Inner.Down.{PlanesNeeded, SpaceNeeded, RowNeeded, RowsAbove, RowsGiven};
-ghost use Rattle.seam_find_kept.specs.Inner.Rows.{capped_sum};
+ghost use Rattle.seam_theory.proofs.Kept.{kept_sum};
 
 use crate::sums::Sum;
 use crate::{CostPlanes, rows};
@@ -100,7 +100,7 @@ fn row_sums<S: Sum>(
     requires planes { PlanesNeeded size width (one_cost method.energy) costs.up.now (length costs.left.now) (length costs.right.now) }
     requires row { RowNeeded size width i (S.held above.now) (length (S.held next.old)) }
     ensures { S.held next.new ≡ table
-        (capped_sum S.most (S.held above.now)
+        (kept_sum S.most (S.held above.now)
         (costs_in method.energy size width costs.entry.up.now costs.entry.left.now costs.entry.right.now i)) width }
 {
     let at = i * (2 * size.width);

@@ -3,7 +3,8 @@ ghost use Rattle.std.specs.Prelude.{◌≡◌, ◌+◌, ◌-◌, ◌≤◌, leng
 ghost use Rattle.grids.specs.Table.{table};
 ghost use Rattle.pictures.specs.Numbers.{numbers_in};
 ghost use Rattle.seam_theory.specs.Sums.{alike_rows, least_to};
-ghost use Rattle.seam_find_kept.specs.Inner.Rows.{FirstNeeded, ByOneNeeded, ByStepsNeeded, capped_sum, step_rows};
+ghost use Rattle.seam_find_kept.specs.Inner.Rows.{FirstNeeded, ByOneNeeded, ByStepsNeeded, step_rows};
+ghost use Rattle.seam_theory.proofs.Kept.{kept_sum};
 
 use crate::sums::Sum;
 use crate::words::pair_at;
@@ -25,7 +26,7 @@ pub(crate) fn first_row<S: Sum>(cost: &[u8], width: usize, next: &mut [u8])
 #[inline(never)]
 pub(crate) fn row_by_one<S: Sum>(above: &[u8], cost: &[u8], width: usize, next: &mut [u8])
     requires { ByOneNeeded (S.held above.now) (length cost.now) width (length (S.held next.old)) }
-    ensures { S.held next.new ≡ table (capped_sum S.most (S.held above.now) (alike_rows (numbers_in cost.now))) width }
+    ensures { S.held next.new ≡ table (kept_sum S.most (S.held above.now) (alike_rows (numbers_in cost.now))) width }
 {
     for c in 0..width {
         let least = S::at(above, c).lesser(S::at(above, c + 1).lesser(S::at(above, c + 2)));
@@ -46,7 +47,7 @@ pub(crate) fn row_by_steps<S: Sum>(
     requires { ByStepsNeeded (S.held above.now)
         (length from_up.now) (length from_left.now) (length from_right.now) width (length (S.held next.old)) }
     ensures { S.held next.new ≡ table
-        (capped_sum S.most (S.held above.now) (step_rows from_up.now from_left.now from_right.now)) width }
+        (kept_sum S.most (S.held above.now) (step_rows from_up.now from_left.now from_right.now)) width }
 {
     for c in 0..width {
         let left = S::at(above, c).plus(pair_at(from_left, c));

@@ -3,7 +3,8 @@ ghost use Rattle.std.specs.Prelude.{◌≡◌, ℕ, ◌+◌, ◌*◌, ◌≤◌,
 ghost use Rattle.pictures.specs.Limits.{most_side};
 ghost use Rattle.pictures.specs.Numbers.{numbers_in, largest_number};
 ghost use Rattle.seam_sums.specs.Fences.{fence32};
-ghost use Rattle.seam_find_kept.specs.Inner.Kept.{largest_word, words_in, SumLaws};
+ghost use Rattle.seam_find_kept.specs.Inner.Kept.{words_in, SumLaws};
+ghost use Rattle.seam_sums.specs.Fences.{largest_word};
 
 use crate::words::{pair_at, put_pair, put_word, word_at};
 

@@ -6,6 +6,7 @@ use Rattle.pictures.specs.Refusals.{refusal}
 use Rattle.pictures.specs.Pictures.{side_rules}
 use Rattle.seam_theory.specs.Sums.{CostRows, fenced, sums_down, least_to}
 use Rattle.seam_theory.proofs.Capped.{capped}
+use Rattle.seam_theory.proofs.Kept.{kept_sums}
 use Rattle.seam_sums.specs.Fences.{fence32}
 use Rattle.seam_planes.specs.Planes.{plane_bytes}
 use Rattle.seam_find.specs.ByCosts.{last_sums}
@@ -24,12 +25,9 @@ pub record PlanesNeeded (z : Size) (w : ℕ) (one : Bool) (up : List ℕ) (left 
 pub record SpaceNeeded (n : ℕ) (z : Size) (w sums : ℕ) : Type 0 where
   pub room : z.height * ((w + 2) * n) ≤ sums
 
--- The sums of row i between their fences, from the costs k of each row; and as they are kept in numbers up to `most`.
+-- The sums of row i between their fences, from the costs k of each row.
 abbrev pub fenced_sums : (ℕ → CostRows) → ℕ → ℕ → List ℕ
 fenced_sums k w i = fenced false fence32 w (sums_down false fence32 w k i)
-
-abbrev pub kept_sums : ℕ → (ℕ → CostRows) → ℕ → ℕ → List ℕ
-kept_sums most k w i = capped most (fenced_sums k w i)
 
 -- Row i, which there is, is to be worked out from the sums x of the row above it with its fences, none of them above a fence.
 pub record RowNeeded (z : Size) (w i : ℕ) (x : List ℕ) (next : ℕ) : Type 0 where
@@ -45,9 +43,9 @@ module _ (n most : ℕ) (held : List ℕ → List ℕ) (k : ℕ → CostRows) (z
     pub later : 0 < i
     pub within : i ≤ z.height
     pub room : z.height * ((w + 2) * n) ≤ length sums
-    pub rows : (r : ℕ) → r < i → held (row_at ((w + 2) * n) r sums) ≡ kept_sums most k w r
+    pub rows : (r : ℕ) → r < i → held (row_at ((w + 2) * n) r sums) ≡ kept_sums most fence32 w k r
 
   -- All rows are stored, and the first of the least sums of the last row is given, as it is found of those that are kept.
   pub record RowsGiven (sums : List ℕ) (column : ℕ) : Type 0 where
-    pub rows : (r : ℕ) → r < z.height → held (row_at ((w + 2) * n) r sums) ≡ kept_sums most k w r
+    pub rows : (r : ℕ) → r < z.height → held (row_at ((w + 2) * n) r sums) ≡ kept_sums most fence32 w k r
     pub column_is : column ≡ least_to (capped most (last_sums fence32 w z.height k)) (w - 1)

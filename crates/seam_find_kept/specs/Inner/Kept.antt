@@ -14,10 +14,6 @@ words_in (a ∷ b ∷ []) = []
 words_in (a ∷ b ∷ c ∷ []) = []
 words_in (a ∷ b ∷ c ∷ d ∷ r) = four_bytes a b c d ∷ words_in r
 
--- The largest of them.
-abbrev pub largest_word : ℕ
-largest_word = 4294967295
-
 -- What holds of `held b`, the numbers of n bytes each that stand in b, none of them above `most`: a cost is such a number, how many there
 -- are, and those of bytes taken from the front or put one after the other.
 pub record SumLaws (n most : ℕ) (held : List ℕ → List ℕ) : Type 0 where

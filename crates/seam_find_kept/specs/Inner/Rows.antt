@@ -1,7 +1,7 @@
 -- A row of sums from the row above it. What private functions ask and promise; no public promise cites it.
-use Rattle.std.specs.Prelude.{◌≡◌, List, ℕ, ◌+◌, ◌*◌, ◌≤◌, min, length, get_or}
+use Rattle.std.specs.Prelude.{◌≡◌, List, ℕ, ◌+◌, ◌*◌, ◌≤◌, length, get_or}
 use Rattle.pictures.specs.Numbers.{numbers_in}
-use Rattle.seam_theory.specs.Sums.{CostRows, sum_of3}
+use Rattle.seam_theory.specs.Sums.{CostRows}
 use Rattle.seam_sums.specs.Fences.{fence32}
 
 -- The bytes of the costs of a row of w, and room for its sums.
@@ -27,7 +27,3 @@ pub record ByStepsNeeded (x : List ℕ) (up left right w next : ℕ) : Type 0 wh
 
 abbrev pub step_rows : List ℕ → List ℕ → List ℕ → CostRows
 step_rows up left right = record { left = numbers_in left; up = numbers_in up; right = numbers_in right }
-
--- The sum of column c, taken as `most` where it is more.
-abbrev pub capped_sum : ℕ → List ℕ → CostRows → ℕ → ℕ
-capped_sum most x k c = min most (sum_of3 x k c)

@@ -4,7 +4,8 @@ use Rattle.pictures.specs.declared.sizes.Size.{Size}
 use Rattle.seam_theory.specs.Sums.{CostRows, sum_of3}
 use Rattle.seam_sums.specs.Fences.{fence32}
 use Rattle.seam_find.specs.ByCosts.{least_sum, path_columns}
-use Rattle.seam_find_kept.specs.Inner.Down.{fenced_sums, kept_sums}
+use Rattle.seam_find_kept.specs.Inner.Down.{fenced_sums}
+use Rattle.seam_theory.proofs.Kept.{kept_sums}
 
 -- A space as long as the seam, and one that has the sums of each row, n bytes each.
 pub record SeamNeeded (n : ℕ) (z : Size) (w seam sums : ℕ) : Type 0 where
@@ -15,7 +16,7 @@ pub record SeamNeeded (n : ℕ) (z : Size) (w seam sums : ℕ) : Type 0 where
 pub record StepNeeded (k : ℕ → CostRows) (most : ℕ) (z : Size) (w i c : ℕ) (x : List ℕ) : Type 0 where
   pub inside : i + 1 < z.height
   pub column : c < w
-  pub sums : x ≡ kept_sums most k w i
+  pub sums : x ≡ kept_sums most fence32 w k i
   pub low : sum_of3 (fenced_sums k w i) (k (i + 1)) c < most
 
 -- The same where the sums are whatever isn't above a fence.

@@ -4,7 +4,8 @@ use Rattle.pictures.specs.Limits.{most_side}
 use Rattle.pictures.proofs.Limits.{sides_are}
 use Rattle.grids.proofs.Rows.{part_end}
 use Rattle.seam_find_kept.specs.Finding.{costs_in}
-use Rattle.seam_find_kept.specs.Inner.Down.{kept_sums}
+use Rattle.seam_sums.specs.Fences.{fence32}
+use Rattle.seam_theory.proofs.Kept.{kept_sums}
 use Rattle.seam_find_kept.proofs.KeptRows.{kept-cheap}
 use Rattle.seam_find_kept.proofs.Small.{kept-small, kept-long}
 use Rattle.seam_find_kept.proofs.Stored.{stride-parts}
@@ -74,7 +75,7 @@ row_sums-requires-clause-row g c =
     let few : a.i - 1 < most_side = omega (arith, c.requires.inside, (sides_are a.size c.requires.planes.sides).height_small) in
     let front = there g ((goal.at.row_sums-requires-clause-row g c).After-split_at_mut-above) in
     let is : S.held (take (length c.split_at_mut-above.result.0.now - (a.i - 1) * c.row_bytes-stride.result) (drop ((a.i - 1) * c.row_bytes-stride.result) c.split_at_mut-above.result.0.now))
-    ≡ kept_sums S.most (costs_in a.method.energy a.size a.width k.up.now k.left.now k.right.now) a.width (a.i - 1) =
+    ≡ kept_sums S.most fence32 a.width (costs_in a.method.energy a.size a.width k.up.now k.left.now k.right.now) (a.i - 1) =
     rw c.row_bytes-stride.ensures.all front.last_is in
     record {
       inside = c.requires.inside;
@@ -99,7 +100,7 @@ returns g c =
     let whole = part_end a.i a.size.height ((a.width + 2) * S.bytes) c.requires.inside in
     let parts = stride-parts a.width S.bytes in
     let last-is : S.held (take (length above - (a.i - 1) * c.row_bytes-stride.result) (drop ((a.i - 1) * c.row_bytes-stride.result) above))
-    ≡ kept_sums S.most (costs_in a.method.energy a.size a.width a.costs.up.now a.costs.left.now a.costs.right.now) a.width (a.i - 1) =
+    ≡ kept_sums S.most fence32 a.width (costs_in a.method.energy a.size a.width a.costs.up.now a.costs.left.now a.costs.right.now) (a.i - 1) =
     rw c.row_bytes-stride.ensures.all front.last_is in
     one-more c.bytes.ensures.laws _ a.size a.width a.i above left next right c.requires.inside front.long
     (omega (arith, c.put_fences.auto.left, left-was.front_len, c.bytes.ensures.one))

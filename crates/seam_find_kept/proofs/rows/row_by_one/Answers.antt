@@ -5,7 +5,7 @@ use Rattle.grids.proofs.Tables.{stored_start, stored_turn, stored_end}
 use Rattle.pictures.specs.Numbers.{numbers_in}
 use Rattle.seam_theory.specs.Sums.{alike_rows}
 use Rattle.seam_theory.proofs.Alike.{sum_alike}
-use Rattle.seam_find_kept.specs.Inner.Rows.{capped_sum}
+use Rattle.seam_theory.proofs.Kept.{kept_sum}
 use Rattle.seam_find_kept.proofs.rows.row_by_one.Goals as goal
 
 pub loop-c-init : goal.loop-c-init
@@ -16,7 +16,7 @@ loop-c-preserved g c =
     let l = c.loop-c in
     let held = g.S.Sum.held in
     let x = held c.args.above.now in
-    let sum : g.S.Sum.value c.plus.result ≡ capped_sum g.S.Sum.most x (alike_rows (numbers_in c.args.cost.now)) l.c =
+    let sum : g.S.Sum.value c.plus.result ≡ kept_sum g.S.Sum.most x (alike_rows (numbers_in c.args.cost.now)) l.c =
     rw (
       c.plus.ensures,
       c.lesser-least.ensures,
@@ -33,5 +33,5 @@ pub returns : goal.returns
 returns g c =
     let l = c.loop-c in
     let held = g.S.Sum.held in
-    let sums = capped_sum g.S.Sum.most (held c.args.above.now) (alike_rows (numbers_in c.args.cost.now)) in
+    let sums = kept_sum g.S.Sum.most (held c.args.above.now) (alike_rows (numbers_in c.args.cost.now)) in
     stored_end _ _ _ l.c (held l.next) (omega arith) l.invariant ∙ ap (table sums) (sym l.invariant.all)

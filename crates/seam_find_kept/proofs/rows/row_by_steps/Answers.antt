@@ -3,7 +3,8 @@ use Rattle.std.proofs.Common.{◌≡◌, sym, ap, ◌∙◌, arith}
 use Rattle.grids.specs.Table.{table}
 use Rattle.grids.proofs.Tables.{stored_start, stored_turn, stored_end}
 use Rattle.seam_theory.proofs.Capped.{capped_three}
-use Rattle.seam_find_kept.specs.Inner.Rows.{capped_sum, step_rows}
+use Rattle.seam_find_kept.specs.Inner.Rows.{step_rows}
+use Rattle.seam_theory.proofs.Kept.{kept_sum}
 use Rattle.seam_find_kept.proofs.rows.row_by_steps.Goals as goal
 
 pub loop-c-init : goal.loop-c-init
@@ -16,7 +17,7 @@ loop-c-preserved g c =
     let held = g.S.Sum.held in
     let x = held a.above.now in
     let k = step_rows a.from_up.now a.from_left.now a.from_right.now in
-    let sum : g.S.Sum.value c.lesser-in-loop-c.result ≡ capped_sum g.S.Sum.most x k l.c =
+    let sum : g.S.Sum.value c.lesser-in-loop-c.result ≡ kept_sum g.S.Sum.most x k l.c =
     rw (
       c.lesser-in-loop-c.ensures,
       c.lesser.ensures,
@@ -38,5 +39,5 @@ returns g c =
     let l = c.loop-c in
     let a = c.args in
     let held = g.S.Sum.held in
-    let sums = capped_sum g.S.Sum.most (held a.above.now) (step_rows a.from_up.now a.from_left.now a.from_right.now) in
+    let sums = kept_sum g.S.Sum.most (held a.above.now) (step_rows a.from_up.now a.from_left.now a.from_right.now) in
     stored_end _ _ _ l.c (held l.next) (omega arith) l.invariant ∙ ap (table sums) (sym l.invariant.all)

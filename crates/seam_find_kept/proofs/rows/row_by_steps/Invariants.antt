@@ -1,9 +1,10 @@
 -- `seam_find_kept::rows::row_by_steps` meets its contract. The loop's invariant: the sums of the first c columns are stored.
 use Rattle.grids.proofs.Tables.{Stored}
-use Rattle.seam_find_kept.specs.Inner.Rows.{capped_sum, step_rows}
+use Rattle.seam_find_kept.specs.Inner.Rows.{step_rows}
+use Rattle.seam_theory.proofs.Kept.{kept_sum}
 use Rattle.seam_find_kept.proofs.rows.row_by_steps.Given as goal
 
 abbrev pub invariant-loop-c : goal.invariant-loop-c
 invariant-loop-c g l =
     let held = g.S.Sum.held in
-    Stored (capped_sum g.S.Sum.most (held l.above) (step_rows l.from_up l.from_left l.from_right)) (held l.initial.next) l.width l.c (held l.next)
+    Stored (kept_sum g.S.Sum.most (held l.above) (step_rows l.from_up l.from_left l.from_right)) (held l.initial.next) l.width l.c (held l.next)

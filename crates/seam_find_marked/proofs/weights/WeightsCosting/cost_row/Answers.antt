@@ -1,6 +1,6 @@
 -- `<Weights as Costing>::cost_row` meets its contract: row i's marks lie within the front, and its energies, weighed with them
 -- column by column, are the row's weights.
-use Rattle.std.proofs.Common.{◌≡◌, ℕ, ◌++◌, ◌≤◌, ◌<◌, get_or, length, take, drop, sym, ap, ap₂, ◌∙◌, le_of_eq, length-take-le, arith, Fits, w8, rules}
+use Rattle.std.proofs.Common.{◌≡◌, ℕ, ◌++◌, ◌<◌, get_or, length, take, ap, ap₂, ◌∙◌, length-take-le, arith, Fits, w8, rules}
 use mathlib.Core.List.{append-nil}
 use lib.ListN.{drop_of_length-le}
 use Rattle.grids.specs.Table.{table}
@@ -11,7 +11,7 @@ use Rattle.pictures.proofs.Samples.{take_bytes}
 use Rattle.energy.specs.Energy.{energy, energies}
 use Rattle.energy.proofs.Served.{energies-served}
 use Rattle.seam_sums.specs.Weights.{kept}
-use Rattle.seam_find_marked.specs.Inner.{marked_bytes, marks_at, weight_in}
+use Rattle.seam_find_marked.specs.Inner.{marked_bytes, weight_in}
 use Rattle.seam_find_marked.proofs.Marked.{row-weighed, costs-cheap}
 use Rattle.seam_find_marked.proofs.weights.WeightsCosting.cost_row.Goals as goal
 use Rattle.seam_find_marked.proofs.weights.WeightsCosting.cost_row.Goals.{After-row_marks}
