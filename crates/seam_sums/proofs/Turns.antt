@@ -1,4 +1,4 @@
--- Laws of the least of sums, over plain numbers: the proofs of the functions of 32 and of 64 bits cite them.
+-- Laws of the least of sums, over plain numbers: the proofs at any width of number cite them.
 use mathlib.Core.Path.{◌≡◌, refl, sym, ◌∙◌}
 use mathlib.Core.Logic.{⊎_elim}
 use Rattle.grids.proofs.Orders.{le-or-lt}
