@@ -1,10 +1,11 @@
 -- The numbers that bound sums.
 use Rattle.std.specs.Prelude.{ℕ}
 
--- The number put at both sides of a row of sums, and the largest number of 32 bits. A fence and a cost add up to one of these. 2 ^ 31.
+-- The number at both sides of a row of sums: a cost can be added to it in 32 bits. 2 ^ 31.
 abbrev pub fence32 : ℕ
 fence32 = 2147483648
 
+-- The largest number of 32 bits.
 abbrev pub largest_word : ℕ
 largest_word = 4294967295
 
