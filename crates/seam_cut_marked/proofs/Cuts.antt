@@ -21,7 +21,7 @@ use Rattle.seam_find.proofs.Worked.{worked_not}
 use Rattle.seam_cut.specs.Cutting.{closed_along}
 use Rattle.seam_cut_marked.specs.Axes.{marked_seam_along, marked_cost_along, blocked_along}
 use Rattle.seam_cut_marked.specs.Marking.{closed_marks, marked_cut_rules, CutMarkedGiven, CutUnclearedGiven}
-use Rattle.seam_cut_marked.specs.Inner.{judged}
+use Rattle.seam_cut_marked.specs.Inner.{judged, CutJudgedGiven}
 
 -- After 12 and 13, as after success, what was worked with counts.
 cut_worked : {A : Type 0} (stuck last : Bool) (n : ℕ) → n ≡ cond stuck 12 (cond last 13 0) → (x y : A) → worked n x y ≡ x
@@ -71,16 +71,17 @@ module _ {how : Method} {x : Axis} {z : Size} {b m seam work : List ℕ} where
     not-cut_uncleared =
         record {
           cut = refused why (number_is how x z b m seam work why told) refl;
-          work_left = sym (worked_not (number_of why) work work (number-some why) (rw told (refusal-most 8 (judged x z b m seam work) refl)));
+          work_left = sym (worked_not (number_of why) _ work (number-some why) (rw told (refusal-most 8 (judged x z b m seam work) refl)));
         }
 
-  -- Where none does, the work space may hold anything before it is cleared.
+  -- Where none does, the work space is left as it was worked in.
   module _ (none : refusal (judged x z b m seam work) ≡ 0) where
-    pub uncleared : {answer : Result ℕ Refusal} {b' m' seam' : List ℕ} → CutMarkedGiven b m z how x seam work answer b' m' seam' (replicate (length work) 0)
-        → (work' : List ℕ) → CutUnclearedGiven b m z how x seam work answer b' m' seam' work'
-    uncleared {answer} g work' =
+    pub uncleared : {answer : Result ℕ Refusal} {b' m' seam' work' : List ℕ} → CutJudgedGiven b m z how x seam work answer b' m' seam' work'
+        → CutUnclearedGiven b m z how x seam work answer b' m' seam' work'
+    uncleared {answer} g =
         record {
-          cut = rw g.work_left at g;
+          cut = rw g.cut.work_left at g.cut;
           work_left =
-              sym (cut_worked (blocked_along how x z (picture z b) (marks_of z m)) (last_along x z) (found_number answer) (g.number ∙ sym (left_number how x z b m seam work none refl)) work' work);
+              g.work_left
+              ∙ sym (cut_worked (blocked_along how x z (picture z b) (marks_of z m)) (last_along x z) (found_number answer) (g.cut.number ∙ sym (left_number how x z b m seam work none refl)) _ work);
         }

@@ -10,7 +10,6 @@ use native.Mathlib.Omega.{arith}
 use lib.Dec.{ltb}
 use borrow.Author.Tests.{le-ltb}
 use lib.ListN.{length, take, drop, replicate}
-use lib.Seq.{take_at, length-take-le}
 use Rattle.grids.specs.Each.{Each}
 use Rattle.grids.proofs.Shapes.{each-reverse}
 use Rattle.pictures.specs.declared.sizes.Size.{Size}
@@ -35,7 +34,7 @@ pub record MarkedThere (space : List ℕ) (z : Size) (how : Method) (seam : List
   pub number : found_number answer ≡ cond (is_none (marked_up how z.width z.height (picture_in z space) (marks_in z space))) 12 0
   pub cost : found_cost answer ≡ served (found_number answer) (marked_cost_of how z.width z.height (picture_in z space) (marks_in z space)) 0
   pub seam_given : seam' ≡ served (found_number answer) (marked_seam_of how z.width z.height (picture_in z space) (marks_in z space) ++ drop z.height seam) seam
-  pub front_left : take (picture_bytes z + pixels z) space' ≡ take (picture_bytes z + pixels z) space
+  pub left : space' ≡ take (picture_bytes z + pixels z) space ++ (replicate (pixels z) 0 ++ drop (picture_bytes z + (pixels z + pixels z)) space)
 
 pub marked_served : (space : List ℕ) (z : Size) (how : Method) (seam : List ℕ) (answer : Result ℕ Refusal) (space' seam' : List ℕ) → FindMarkedInGiven space z how seam answer space' seam'
     → refusal (side_rules z) ≡ 0 → z.height ≤ length seam → picture_bytes z + (pixels z + pixels z) ≤ length space → MarkedThere space z how seam answer space' seam'
@@ -45,11 +44,7 @@ marked_served space z how seam answer space' seam' g sides room long =
       cost = g.cost;
       seam_given = g.seam_given;
       -- picture and marks are read, and only what comes after them is written
-      front_left =
-          let front = picture_bytes z + pixels z in
-          let after = replicate (pixels z) 0 ++ drop (picture_bytes z + (pixels z + pixels z)) space in
-          ap (take front) (g.space_left ∙ worked-or (found_number answer) (take front space ++ after) space blocked number_is)
-          ∙ take_at (take front space) after front (length-take-le front space (omega (arith, long)));
+      left = g.space_left ∙ worked-or (found_number answer) _ space blocked number_is;
     }
   where
     blocked : Bool

@@ -1,19 +1,17 @@
 -- What the private functions of this crate ask and promise. No public promise cites it.
 use Rattle.pictures.specs.declared.refusals.Refusal.{Refusal}
-use Rattle.std.specs.Prelude.{◌≡◌, false, cond, List, ◌++◌, ℕ, ◌+◌, ◌≤◌, length, take, drop, replicate, Result}
-use Rattle.grids.specs.Rows.{flat}
+use Rattle.std.specs.Prelude.{◌≡◌, false, cond, List, ◌++◌, ℕ, ◌+◌, ◌≤◌, length, drop, replicate, Result}
 use Rattle.pictures.specs.declared.sizes.Size.{Size}
 use Rattle.pictures.specs.Refusals.{Rule, number_of, refusal, served}
-use Rattle.pictures.specs.Pictures.{size_rules, picture_bytes, picture, bytes, pixels, marks_of}
+use Rattle.pictures.specs.Pictures.{size_rules, picture_bytes, picture, pixels, marks_of}
 use Rattle.energy.specs.declared.methods.Method.{Method}
 use Rattle.seam_rules.specs.Answers.{found_number, found_cost}
 use Rattle.seam_rules.specs.Axes.{turned_size}
 use Rattle.seam_rules.specs.declared.answers.Axis.{Axis}
 use Rattle.seam_rules.specs.Cuts.{room_rules, last_along}
-use Rattle.seam_turn.specs.Axes.{turned}
 use Rattle.seam_cut.specs.Cutting.{closed_along}
 use Rattle.seam_cut_marked.specs.Axes.{marked_seam_along, marked_cost_along, blocked_along}
-use Rattle.seam_cut_marked.specs.Marking.{mark_rules, closed_marks, CutMarkedGiven}
+use Rattle.seam_cut_marked.specs.Marking.{mark_rules, closed_marks, searched, left_after, CutMarkedGiven}
 
 -- A picture and marks of its size, with room for the seam and for finding it.
 pub record MarkedNeeded (b m : List ℕ) (z : Size) (x : Axis) (seam work : List ℕ) : Type 0 where
@@ -36,8 +34,9 @@ pub record JudgedNeeded (b m : List ℕ) (z : Size) (x : Axis) (seam work : List
   pub none : refusal (judged x z b m seam work) ≡ 0
 
 -- Then the cut gives what `cut_marked` gives. The work space is still to be cleared.
-abbrev pub CutJudgedGiven : (b m : List ℕ) → Size → Method → Axis → (seam work : List ℕ) → Result ℕ Refusal → (b' m' seam' : List ℕ) → Type 0
-CutJudgedGiven b m z how x seam work answer b' m' seam' = CutMarkedGiven b m z how x seam work answer b' m' seam' (replicate (length work) 0)
+pub record CutJudgedGiven (b m : List ℕ) (z : Size) (how : Method) (x : Axis) (seam work : List ℕ) (answer : Result ℕ Refusal) (b' m' seam' work' : List ℕ) : Type 0 where
+  pub cut : CutMarkedGiven b m z how x seam work answer b' m' seam' (replicate (length work) 0)
+  pub work_left : work' ≡ left_after (found_number answer) how x z b m work
 
 -- 12 where every seam meets a protected pixel.
 abbrev pub blocked_number : Method → Axis → Size → List ℕ → List ℕ → ℕ
@@ -52,17 +51,19 @@ pub record MarkedSeamGiven (b m : List ℕ) (z : Size) (how : Method) (x : Axis)
       (marked_seam_along how x z (picture z b) (marks_of z m) ++ drop (turned_size x z).height seam)
       seam
 
--- Picture and marks turned then stand one after the other at the front of the work space, which is still to be cleared.
-pub record MarkedAlongGiven (b m : List ℕ) (z : Size) (how : Method) (x : Axis) (seam : List ℕ) (answer : Result ℕ Refusal) (seam' work' : List ℕ) : Type 0 where
+-- The work space is still to be cleared.
+pub record MarkedAlongGiven (b m : List ℕ) (z : Size) (how : Method) (x : Axis) (seam work : List ℕ) (answer : Result ℕ Refusal) (seam' work' : List ℕ) : Type 0 where
   pub found : MarkedSeamGiven b m z how x seam answer seam'
-  pub stand : take (picture_bytes z + pixels z) work' ≡ bytes z.kind (turned x z.width (picture z b)) ++ flat (turned x z.width (marks_of z m))
+  pub work_left : work' ≡ searched x z b m work
 
 -- The seam, and picture and marks without it.
-pub record CutAlongGiven (b m : List ℕ) (z : Size) (how : Method) (x : Axis) (seam : List ℕ) (answer : Result ℕ Refusal) (b' m' seam' : List ℕ) : Type 0 where
+pub record CutAlongGiven (b m : List ℕ) (z : Size) (how : Method) (x : Axis) (seam work : List ℕ) (answer : Result ℕ Refusal) (b' m' seam' work' : List ℕ) : Type 0 where
   pub found : MarkedSeamGiven b m z how x seam answer seam'
   pub picture_left : b' ≡ served (found_number answer) (closed_along x z (marked_seam_along how x z (picture z b) (marks_of z m)) b) b
   pub marks_left : m' ≡ served (found_number answer) (closed_marks x z (marked_seam_along how x z (picture z b) (marks_of z m)) m) m
+  pub work_left : work' ≡ left_after (found_number answer) how x z b m work
 
 -- At the last column or row 12, else 13.
-pub record LastGiven (b m : List ℕ) (z : Size) (how : Method) (x : Axis) (why : Refusal) : Type 0 where
+pub record LastGiven (b m : List ℕ) (z : Size) (how : Method) (x : Axis) (work : List ℕ) (why : Refusal) (work' : List ℕ) : Type 0 where
   pub number : number_of why ≡ cond (blocked_along how x z (picture z b) (marks_of z m)) 12 13
+  pub work_left : work' ≡ searched x z b m work

@@ -113,7 +113,7 @@ fn marked_along(
     work: &mut [u8],
 ) -> Result<u64, Refusal>
     requires { MarkedNeeded picture.now marks.now size axis seam.old work.old }
-    ensures { MarkedAlongGiven picture.now marks.now size method axis seam.old result seam.new work.new }
+    ensures { MarkedAlongGiven picture.now marks.now size method axis seam.old work.old result seam.new work.new }
 {
     let turned = seam_rules::turned_size(axis, size);
     let marked = seam_rules::grey(size);
@@ -132,7 +132,7 @@ fn last_marked(
     work: &mut [u8],
 ) -> Refusal
     requires { MarkedNeeded picture.now marks.now size axis (replicate largest_side 0) work.old }
-    ensures { LastGiven picture.now marks.now size method axis result }
+    ensures { LastGiven picture.now marks.now size method axis work.old result work.new }
 {
     let mut spare = [0u16; LARGEST_SIDE];
     match marked_along(picture, marks, size, method, axis, &mut spare, work) {
@@ -152,7 +152,7 @@ fn cut_judged(
     work: &mut [u8],
 ) -> Result<u64, Refusal>
     requires { JudgedNeeded picture.old marks.old size axis seam.old work.old }
-    ensures { CutJudgedGiven picture.old marks.old size method axis seam.old work.old result picture.new marks.new seam.new }
+    ensures { CutJudgedGiven picture.old marks.old size method axis seam.old work.old result picture.new marks.new seam.new work.new }
 {
     if seam_rules::takes_last(axis, size) {
         return Err(last_marked(picture, marks, size, method, axis, work));
@@ -172,7 +172,7 @@ fn cut_marked_along(
     work: &mut [u8],
 ) -> Result<u64, Refusal>
     requires { CutMarkedNeeded picture.old marks.old size axis seam.old work.old }
-    ensures { CutAlongGiven picture.old marks.old size method axis seam.old result picture.new marks.new seam.new }
+    ensures { CutAlongGiven picture.old marks.old size method axis seam.old work.old result picture.new marks.new seam.new work.new }
 {
     let turned = seam_rules::turned_size(axis, size);
     let marked = seam_rules::grey(size);

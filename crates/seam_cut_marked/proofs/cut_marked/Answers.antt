@@ -13,4 +13,4 @@ returns-in_err-judge_marked c =
 pub returns : goal.returns
 returns c =
     let q = c.cut_judged-cut in
-    rw (c.clear.ensures ∙ ap (λ n. replicate n 0) q.auto.work) q.ensures
+    rw (c.clear.ensures ∙ ap (λ n. replicate n 0) q.auto.work) q.ensures.cut

@@ -1,6 +1,9 @@
 -- `seam_cut_marked::cut_marked_along` meets its contract: where a seam is allowed it lies inside the picture, so closing up the
 -- picture and the marks is served.
-use Rattle.std.proofs.Common.{◌≡◌, Result, Ok, IsOk, false, eqb, List, ◌++◌, ℕ, ◌+◌, ◌-◌, ◌<◌, ◌≤◌, length, take, drop, replicate, sym, ap, ap₂, ◌∙◌, mul-one, take_at, arith}
+use Rattle.std.proofs.Common.{◌≡◌, Result, Ok, Err, IsOk, false, eqb, List, ◌++◌, ℕ, ◌+◌, ◌-◌, ◌<◌, ◌≤◌, length, take, drop, replicate, refl, sym, ap, ap₂, ◌∙◌, mul-one, take_at, arith}
+use mathlib.Core.List.{append-nil}
+use lib.Seq.{drop-length}
+use mathlib.Core.Bool.{true≢false}
 use borrow.Author.Tests.{not-true}
 use borrow.Rule.Slice.PartMut.{put_mid, mid_of, same_len_mid}
 use Rattle.grids.specs.Rows.{flat}
@@ -10,7 +13,7 @@ use Rattle.grids.proofs.Shapes.{each-length}
 use Rattle.pictures.specs.declared.sizes.Kind.TheVariants.{Grey}
 use Rattle.pictures.specs.declared.sizes.Size.{Size}
 use Rattle.pictures.specs.declared.refusals.Refusal.{Refusal}
-use Rattle.pictures.specs.Refusals.{refusal}
+use Rattle.pictures.specs.Refusals.{given, refusal}
 use Rattle.pictures.specs.Pictures.{pixel_bytes, size_rules, picture_bytes, picture, bytes, pixels, marks_of, picture_in}
 use Rattle.pictures.proofs.Limits.{Sized, sized_is}
 use Rattle.energy.specs.declared.methods.Method.{Method}
@@ -18,18 +21,22 @@ use Rattle.seam_rules.specs.declared.answers.Axis.{Axis}
 use Rattle.seam_rules.specs.Cuts.{last_along}
 use Rattle.seam_rules.specs.Axes.{turned_size, grey_of}
 use Rattle.seam_turn.specs.Axes.{turned, cut_along}
-use Rattle.seam_turn.specs.Turning.{CloseAlongGiven}
+use Rattle.seam_turn.specs.Turning.{left_work, CloseAlongGiven}
 use Rattle.seam_turn.proofs.Served.{close_served}
 use Rattle.seam_turn.proofs.Answered.{close_ok}
 use Rattle.seam_cut.specs.Cutting.{closed_along}
 use Rattle.seam_cut_marked.specs.Axes.{marked_seam_along, blocked_along}
-use Rattle.seam_cut_marked.specs.Marking.{closed_marks}
+use Rattle.seam_cut_marked.specs.Marking.{closed_marks, searched, cut_there}
 use Rattle.seam_cut_marked.specs.Inner.{MarkedSeamGiven, CutMarkedNeeded, CutAlongGiven}
 use Rattle.seam_cut_marked.proofs.Buffers.{ok_free}
 use Rattle.seam_cut_marked.proofs.Marked.{marked_inside}
 use Rattle.seam_cut_marked.proofs.Marks.{grey-bytes, grey-sized, wide-grey, tall_grey, marks-cut}
-use Rattle.seam_cut_marked.proofs.Standing.{picture_stands, marks_stand}
+use Rattle.seam_cut_marked.proofs.Standing.{searched_front, picture_stands, marks_stand}
 use Rattle.seam_cut_marked.proofs.cut_marked_along.Goals as goal
+
+ok-given : (v : Result Unit Refusal) → IsOk v → given v ≡ 0
+ok-given (Ok u) h = refl
+ok-given (Err why) h = absurd (true≢false (sym h))
 
 -- A seam is allowed.
 module _ {how : Method} {x : Axis} {z : Size} {b m room work : List ℕ} (p : CutMarkedNeeded b m z x room work)
@@ -59,9 +66,12 @@ module _ {how : Method} {x : Axis} {z : Size} {b m room work : List ℕ} (p : Cu
 
     -- so the marks, which stand turned after the picture, are closed up along it, as a grey picture of its sides,
     module _ (work' : List ℕ) (work-long : length work' ≡ length work)
-        (stand : take (picture_bytes z + pixels z) work' ≡ bytes z.kind (turned x z.width (picture z b)) ++ flat (turned x z.width (marks_of z m)))
+        (searched-is : work' ≡ searched x z b m work)
         {g : Size} (grey-is : g ≡ grey_of z) {u : Result Unit Refusal} {m' after : List ℕ}
         (marks : CloseAlongGiven m g x s (mid_of (length b) (length work' - length b) work') u m' after) where
+      stand : take (picture_bytes z + pixels z) work' ≡ bytes z.kind (turned x z.width (picture z b)) ++ flat (turned x z.width (marks_of z m))
+      stand = ap (take (picture_bytes z + pixels z)) searched-is ∙ searched_front x z b m sure.length_is p.found.marked work
+
       abbrev lent : List ℕ
       lent = mid_of (length b) (length work' - length b) work'
 
@@ -116,30 +126,45 @@ module _ {how : Method} {x : Axis} {z : Size} {b m room work : List ℕ} (p : Cu
         picture_ok : IsOk v
         picture_ok = close_ok b z x s space v b' left closes p.found.sized (rw s-is inside) p.more fits
 
-        given : CutAlongGiven b m z how x room (Ok k) b' m' seam'
+        -- Both are closed up where they stand.
+        space-is : space ≡ take (picture_bytes z) work' ++ after
+        space-is =
+            put_part (length b) (length work') work' after (omega (arith, p.found.work_room, work-long, sure.length_is))
+            ∙ ap₂ (λ n r. take n work' ++ (after ++ r)) sure.length_is (drop-length work')
+            ∙ ap (take (picture_bytes z) work' ++◌) (append-nil after)
+
+        left-is : left ≡ cut_there x z seam (searched x z b m work)
+        left-is =
+            closes.work_left
+            ∙ ap₂ (left_work x z s) (ok-given v picture_ok) space-is
+            ∙ ap (λ y. left_work x z s 0 (take (picture_bytes z) work' ++ y)) (grey.work_left ∙ ap₂ (left_work x (grey_of z) s) (ok-given u marks_ok) lent_is)
+            ∙ ap₂ (cut_there x z) s-is searched-is
+
+        both : CutAlongGiven b m z how x room work (Ok k) b' m' seam' left
         unfolding seam
-        given =
+        both =
             record {
               found = found;
               picture_left =
                   close_served b z x s space v b' left closes p.found.sized (rw s-is inside) p.more fits stands
                   ∙ ap (λ s. closed_along x z s b) s-is;
               marks_left = closed;
+              work_left = left-is;
             }
 
 pub unwrap-requires : goal.unwrap-requires
 unwrap-requires c =
     marks_ok c.requires c.in_ok-cost.ensures.found c.turned_size-turned.ensures c.marked_along.new.work c.marked_along.auto.work
-    c.in_ok-cost.ensures.stand c.grey-marked.ensures c.close.ensures
+    c.in_ok-cost.ensures.work_left c.grey-marked.ensures c.close.ensures
 
 pub unwrap-requires-2 : goal.unwrap-requires-2
 unwrap-requires-2 c =
     picture_ok c.requires c.in_ok-cost.ensures.found c.turned_size-turned.ensures c.marked_along.new.work c.marked_along.auto.work
-    c.in_ok-cost.ensures.stand c.grey-marked.ensures c.close.ensures
+    c.in_ok-cost.ensures.work_left c.grey-marked.ensures c.close.ensures
     c.close.auto.work c.close-2.ensures
 
 pub returns : goal.returns
 returns c =
-    given c.requires c.in_ok-cost.ensures.found c.turned_size-turned.ensures c.marked_along.new.work c.marked_along.auto.work
-    c.in_ok-cost.ensures.stand c.grey-marked.ensures c.close.ensures
+    both c.requires c.in_ok-cost.ensures.found c.turned_size-turned.ensures c.marked_along.new.work c.marked_along.auto.work
+    c.in_ok-cost.ensures.work_left c.grey-marked.ensures c.close.ensures
     c.close.auto.work c.close-2.ensures

@@ -14,4 +14,4 @@ pub cut_judged-requires : goal.cut_judged-requires
 cut_judged-requires c = record { none = sym c.in_ok-judge_marked.ensures }
 
 pub returns : goal.returns
-returns c = uncleared (sym c.in_ok-judge_marked.ensures) c.cut_judged.ensures c.cut_judged.new.work
+returns c = uncleared (sym c.in_ok-judge_marked.ensures) c.cut_judged.ensures

@@ -2,15 +2,16 @@
 -- that then stand at the front of the work space.
 use Rattle.pictures.specs.declared.refusals.Refusal.{Refusal}
 use Rattle.std.specs.Prelude.{Result, IsOk}
-use Rattle.std.proofs.Common.{◌≡◌, List, ◌++◌, ℕ, ◌+◌, ◌-◌, ◌≤◌, cond, length, take, drop, sym, ap, ap₂, ◌∙◌, append_assoc, length-append, take_at, arith}
+use Rattle.std.proofs.Common.{◌≡◌, List, ◌++◌, ℕ, ◌+◌, ◌-◌, ◌≤◌, cond, length, take, drop, replicate, sym, ap, ap₂, ◌∙◌, append_assoc, take_at, arith}
+use mathlib.Core.List.{append-nil}
+use lib.Seq.{drop_at, drop-drop, drop-length}
 use borrow.Rule.Slice.PartMut.{put_mid, mid_of, same_len_mid}
 use Rattle.grids.specs.Rows.{flat}
-use Rattle.grids.proofs.Parts.{part_length}
+use Rattle.grids.proofs.Parts.{part_length, last_part}
 use Rattle.pictures.specs.declared.sizes.Size.{Size}
 use Rattle.pictures.specs.Refusals.{served}
 use Rattle.pictures.specs.Pictures.{picture_bytes, picture, bytes, pixels, marks_of, picture_in, marks_in}
 use Rattle.pictures.proofs.Limits.{Sized, sized_is}
-use Rattle.pictures.proofs.Buffers.{picture-of_size}
 use Rattle.energy.specs.declared.methods.Method.{Method}
 use Rattle.seam_theory.specs.PictureSeams.{marked_up, marked_seam_of, marked_cost_of, is_none}
 use Rattle.seam_rules.specs.declared.answers.Axis.{Axis}
@@ -19,14 +20,15 @@ use Rattle.seam_rules.specs.Axes.{turned_size, grey_of}
 use Rattle.seam_rules.proofs.Turns.{turned-bytes, turned-pixels, turned-sides}
 use Rattle.seam_turn.specs.Axes.{turned}
 use Rattle.seam_turn.specs.Turning.{TurnGiven}
-use Rattle.seam_turn.proofs.Turned.{length-turned}
 use Rattle.seam_turn.proofs.Served.{turn_served}
 use Rattle.seam_turn.proofs.Answered.{turn_ok}
 use Rattle.seam_find_marked.specs.Finding.{FindMarkedInGiven}
 use Rattle.seam_cut_marked.specs.Axes.{marked_seam_along, marked_cost_along, blocked_along}
+use Rattle.seam_cut_marked.specs.Marking.{searched}
 use Rattle.seam_cut_marked.specs.Inner.{MarkedNeeded}
 use Rattle.seam_cut_marked.proofs.Marked.{MarkedThere, marked_served}
-use Rattle.seam_cut_marked.proofs.Marks.{grey-bytes, grey-sized, put_after, picture_there, marks_there, marks-long}
+use Rattle.seam_cut_marked.proofs.Marks.{grey-bytes, grey-sized, put_after, picture_there, marks_there}
+use Rattle.seam_cut_marked.proofs.Standing.{front-long, both-long}
 use Rattle.seam_cut_marked.proofs.marked_along.Goals as goal
 
 -- What is lent; what turning the picture leaves in the work space.
@@ -80,20 +82,47 @@ module _ (b m : List ℕ) (z : Size) (x : Axis) (seam work : List ℕ) (p : Mark
         (turned-sides x z (length b) sure) p.seam_room
         (omega (arith, turned-bytes x z, turned-pixels x z, p.work_room, space-long))
 
-    -- finding leaves them
-    both_stand : (space' : List ℕ) → take (picture_bytes (turned_size x z) + pixels (turned_size x z)) space' ≡ take (picture_bytes (turned_size x z) + pixels (turned_size x z)) space
-        → take (picture_bytes z + pixels z) space' ≡ bytes z.kind (turned x z.width (picture z b)) ++ flat (turned x z.width (marks_of z m))
-    both_stand space' e =
-        let t = turned_size x z in
-        let front = bytes z.kind (turned x z.width (picture z b)) in
-        let back = flat (turned x z.width (marks_of z m)) in
-        let long : length (front ++ back) ≡ picture_bytes t + pixels t =
-        length-append front back ∙ ap₂ ◌+◌ (length-turned x z (picture z b) (picture-of_size z b sure.length_is)) (marks-long x z m p.marked ∙ sym (turned-pixels x z))
-        in
-        ap₂ (λ i j. take (i + j) space') (sym (turned-bytes x z)) (sym (turned-pixels x z))
-        ∙ e
-        ∙ ap (take (picture_bytes t + pixels t)) (stands ∙ sym (append_assoc front back after))
-        ∙ take_at (front ++ back) after (picture_bytes t + pixels t) long
+    -- finding leaves both, zeros where the ways were, and the rest as it was
+    abbrev picture_turned : List ℕ
+    picture_turned = bytes z.kind (turned x z.width (picture z b))
+
+    abbrev marks_turned : List ℕ
+    marks_turned = flat (turned x z.width (marks_of z m))
+
+    after-is : after ≡ drop (picture_bytes z + pixels z) work
+    unfolding after
+    after-is =
+        ap₂ (λ y rest. drop (picture_bytes (grey_of z)) y ++ rest) (last_part (length b) front) (drop-length front)
+        ∙ append-nil (drop (picture_bytes (grey_of z)) (drop (length b) front))
+        ∙ drop-drop (picture_bytes (grey_of z)) (length b) front
+        ∙ ap₂ drop (ap₂ ◌+◌ sure.length_is (grey-bytes z)) turned_is
+        ∙ sym (drop-drop (pixels z) (picture_bytes z) (picture_turned ++ drop (picture_bytes z) work))
+        ∙ ap (drop (pixels z)) (drop_at picture_turned (drop (picture_bytes z) work) (picture_bytes z) (front-long x z b m sure.length_is p.marked))
+        ∙ drop-drop (pixels z) (picture_bytes z) work
+
+    there-is : space ≡ (picture_turned ++ marks_turned) ++ after
+    there-is = stands ∙ sym (append_assoc picture_turned marks_turned after)
+
+    rest-is : drop (picture_bytes z + (pixels z + pixels z)) space ≡ drop (picture_bytes z + (pixels z + pixels z)) work
+    rest-is =
+        let e : picture_bytes z + (pixels z + pixels z) ≡ picture_bytes z + pixels z + pixels z = omega arith in
+        rw e (
+        sym (drop-drop (pixels z) (picture_bytes z + pixels z) space)
+        ∙ ap (drop (pixels z))
+        (ap (drop (picture_bytes z + pixels z)) there-is ∙ drop_at (picture_turned ++ marks_turned) after (picture_bytes z + pixels z) (both-long x z b m sure.length_is p.marked) ∙ after-is)
+        ∙ drop-drop (pixels z) (picture_bytes z + pixels z) work
+        )
+
+    left-is : (space' : List ℕ)
+        → space' ≡ take (picture_bytes (turned_size x z) + pixels (turned_size x z)) space
+        ++ (replicate (pixels (turned_size x z)) 0 ++ drop (picture_bytes (turned_size x z) + (pixels (turned_size x z) + pixels (turned_size x z))) space)
+        → space' ≡ searched x z b m work
+    left-is space' e =
+        e
+        ∙ ap₂ (λ i j. take (i + j) space ++ (replicate j 0 ++ drop (i + (j + j)) space)) (turned-bytes x z) (turned-pixels x z)
+        ∙ ap₂ (λ f r. f ++ (replicate (pixels z) 0 ++ r))
+        (ap (take (picture_bytes z + pixels z)) there-is ∙ take_at (picture_turned ++ marks_turned) after (picture_bytes z + pixels z) (both-long x z b m sure.length_is p.marked)) rest-is
+        ∙ append_assoc picture_turned marks_turned (replicate (pixels z) 0 ++ drop (picture_bytes z + (pixels z + pixels z)) work)
 
     seen : picture_in (turned_size x z) space ≡ turned x z.width (picture z b)
     seen = picture_there x z b m space after sure.length_is p.marked stands
@@ -139,5 +168,5 @@ returns c =
         cost = g.cost ∙ ap₂ (λ q r. served k (marked_cost_of how t.width t.height q r) 0) q r;
         seam_given = g.seam_given ∙ ap₂ (λ q r. served k (marked_seam_of how t.width t.height q r ++ drop t.height room) room) q r;
       };
-      stand = both_stand b m z x room work p v front turns kept u marks turns-marks marks_kept f.new.space g.front_left;
+      work_left = left-is b m z x room work p v front turns kept u marks turns-marks marks_kept f.new.space g.left;
     }
