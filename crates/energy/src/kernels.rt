@@ -83,7 +83,7 @@ pub(crate) fn distances<const N: usize, const PIXELS: usize, const SAMPLES: usiz
     ensures { out.new ≡ table (two_distances N a.now b.now c.now d.now) (length out.old) }
 {
     if out.len() < PIXELS {
-        short::<N, PIXELS, SAMPLES>(a, b, c, d, out);
+        short::<N>(a, b, c, d, out);
     } else {
         blocks::<N, PIXELS, SAMPLES>(a, b, c, d, out);
     }
@@ -143,28 +143,19 @@ fn block<const N: usize, const PIXELS: usize, const SAMPLES: usize>(
     widen(&sums, out);
 }
 
-// The same of a row of less than a block, whose lengths the compiler doesn't know.
-fn short<const N: usize, const PIXELS: usize, const SAMPLES: usize>(
-    a: &[u8],
-    b: &[u8],
-    c: &[u8],
-    d: &[u8],
-    out: &mut [u32],
-)
-    requires block { BlockOf N PIXELS SAMPLES }
-    requires less { length out.old < PIXELS }
+// The same of a row of less than a block, pixel by pixel: room for its samples would be cleared again for each row, and takes longer
+// than the row itself.
+fn short<const N: usize>(a: &[u8], b: &[u8], c: &[u8], d: &[u8], out: &mut [u32])
+    requires few { N ≤ 3 }
+    requires narrow { length out.old ≤ most_side }
     requires rows { DistancesNeeded a.now b.now c.now d.now (length out.old * N) }
     ensures { out.new ≡ table (two_distances N a.now b.now c.now d.now) (length out.old) }
 {
-    let mut first = [0u8; SAMPLES];
-    let mut second = [0u8; SAMPLES];
-    let mut sums = [0u16; PIXELS];
-    let width = out.len();
-    let samples = width * N;
-    samples_apart(a, b, &mut first[..samples]);
-    samples_apart(c, d, &mut second[..samples]);
-    pixel_sums::<N>(&first[..samples], &second[..samples], &mut sums[..width]);
-    widen(&sums[..width], out);
+    for (k, distance) in out.iter_mut().enumerate() {
+        let first = difference(pixel_at::<N>(a, k), pixel_at::<N>(b, k));
+        let second = difference(pixel_at::<N>(c, k), pixel_at::<N>(d, k));
+        *distance = first + second;
+    }
 }
 
 // How far the samples of one row are from those of another; by index, since nothing is promised of what is written through a zip.
