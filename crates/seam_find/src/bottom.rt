@@ -30,8 +30,9 @@ pub(crate) fn find_bottom<C: Costing>(
     let fence = C::Sum::make_fence();
     let mut above = [fence; LARGEST_SIDE + 2];
     let mut energies = [0u32; 3 * LARGEST_SIDE];
-    let mut steps = [fence; 3 * LARGEST_SIDE];
-    let mut next = [fence; LARGEST_SIDE];
+    let zero = C::Sum::make_zero();
+    let mut steps = [zero; 3 * LARGEST_SIDE];
+    let mut next = [zero; LARGEST_SIDE];
     bottom_with::<C>(
         space,
         allowed,

@@ -21,6 +21,10 @@ pub trait Number: Copy {
     fn make_fence() -> Self
         ensures { value result ≡ fence };
 
+    // What a row is made of that is written before it is read: the fence would be stored number by number, after the row was cleared.
+    fn make_zero() -> Self
+        ensures { value result ≡ 0 };
+
     fn lesser(self, other: Self) -> Self
         ensures { value result ≡ min (value self) (value other) };
 
@@ -49,6 +53,10 @@ impl Number for u32 {
 
     fn make_fence() -> u32 {
         1 << 31
+    }
+
+    fn make_zero() -> u32 {
+        0
     }
 
     fn lesser(self, other: u32) -> u32 {
@@ -80,6 +88,10 @@ impl Number for Weight {
 
     fn make_fence() -> Weight {
         Weight(1 << 31)
+    }
+
+    fn make_zero() -> Weight {
+        Weight(0)
     }
 
     fn lesser(self, other: Weight) -> Weight {
