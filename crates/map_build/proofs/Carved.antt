@@ -2,12 +2,12 @@
 use mathlib.Core.Path.{◌≡◌, sym, ap, ap₂, ◌∙◌}
 use mathlib.Core.Bool.{false}
 use mathlib.Core.List.{List, ◌++◌, map}
-use Prim.Native.Nat.{ℕ, suc, ◌+◌, ◌-◌, ◌*◌, ◌<◌}
+use Prim.Native.Nat.{ℕ, suc, ◌+◌, ◌-◌, ◌*◌, ◌≤◌, ◌<◌}
 use native.Mathlib.Nat.{zero-mul, suc-mul}
 use native.Mathlib.Numerals.{add-one}
 use native.Mathlib.Omega.{arith}
-use lib.ListN.{length, replicate, replicate-append-replicate}
-use lib.Seq.{take_all}
+use lib.ListN.{length, take, replicate, replicate-append-replicate}
+use lib.Seq.{take_all, length-take-le}
 use Rattle.grids.specs.Each.{Grid, none, more}
 use Rattle.grids.specs.Cut.{cut}
 use Rattle.grids.specs.Table.{table}
@@ -15,10 +15,10 @@ use Rattle.grids.specs.Rows.{flat}
 use Rattle.grids.proofs.Shapes.{grid_of}
 use Rattle.grids.proofs.Rows.{flat-rows_of}
 use Rattle.pictures.specs.declared.sizes.Size.{Size}
-use Rattle.pictures.specs.Pictures.{Picture, OfSize, picture, pixels}
+use Rattle.pictures.specs.Pictures.{Picture, OfSize, picture, pixels, picture_bytes}
 use Rattle.pictures.specs.Numbers.{pairs, numbers_in}
-use Rattle.pictures.proofs.Samples.{AreBytes, each-bytes}
-use Rattle.pictures.proofs.Buffers.{picture-of_size}
+use Rattle.pictures.proofs.Samples.{AreBytes, take_bytes, each-bytes}
+use Rattle.pictures.proofs.Buffers.{picture-of_size, bytes-picture}
 use Rattle.pictures.proofs.TwoBytes.{rows-pairs, pairs-append, pairs-zeros, pairs-numbers, length-numbers}
 use Rattle.energy.specs.declared.methods.Method.{Method}
 use Rattle.energy.specs.declared.pixels.Step.{Step}
@@ -36,7 +36,7 @@ use Rattle.map_theory.proofs.Maps.{carve-next, map_next}
 use Rattle.map_theory.proofs.LeftColumns.{left_columns, all-left_zeros}
 use Rattle.map_rules.specs.Spaces.{map_bytes}
 use Rattle.map_rules.proofs.Rooms.{map-rows}
-use Rattle.map_build.specs.Inner.Carving.{left_picture, Held, PlanesSized, StepGiven}
+use Rattle.map_build.specs.Inner.Carving.{left_picture, Held, PlanesSized, StepGiven, CarveGiven}
 
 -- A map of zeros.
 pub map-zeros : {A : Type 0} {w h : ℕ} {p : List (List A)} → Grid w h p → pairs (flat (zeros p)) ≡ replicate (h * (2 * w)) 0
@@ -120,3 +120,15 @@ map_is z b e small =
     let many : length (numbers_in b) ≡ z.height * z.width = omega (arith, length-numbers b, e) in
     sym (ap pairs (flat-rows_of z.width z.height (numbers_in b) ∙ take_all (z.height * z.width) (numbers_in b) (omega (arith, many)))
     ∙ pairs-numbers (pixels z) b (rw e at (each-bytes b small)))
+
+-- Where no seam is cut the picture is as it was, and its map holds zeros.
+pub carved_none : (z : Size) (how : Method) (work map_left : List ℕ) → picture_bytes z ≤ length work → AreBytes work
+    → length map_left ≡ map_bytes z → map_left ≡ replicate (length map_left) 0 → CarveGiven z how 0 work work map_left
+carved_none z how work map_left room small long blank =
+    let e : z.width - 0 ≡ z.width = omega arith in
+    let plane = take (picture_bytes z) work in
+    let l : length plane ≡ picture_bytes z = length-take-le (picture_bytes z) work room in
+    record {
+      packed = rw e (sym (bytes-picture z plane l (take_bytes (picture_bytes z) work small)));
+      map_given = blank ∙ ap (λ k. replicate k 0) (long ∙ sym (map-rows z)) ∙ sym (map-zeros (grid_of (picture-of_size z plane l)));
+    }

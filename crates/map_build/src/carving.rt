@@ -25,6 +25,11 @@ pub(crate) fn carve(
     requires { CarveNeeded allowed.size depth (length work.old) (length map.old) }
     ensures { CarveGiven allowed.size method depth work.old work.new map.new }
 {
+    if depth == 0 {
+        // no seam is looked for, so no costs are worked out
+        pictures::clear(map);
+        return;
+    }
     let size = allowed.size;
     let plane = 2 * allowed.pixels();
     let (picture, rest) = work.split_at_mut(allowed.picture_bytes());

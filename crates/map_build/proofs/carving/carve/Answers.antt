@@ -1,4 +1,4 @@
--- `map_build::carving::carve` meets its contract: the planes before the first seam, one seam more, and the picture packed.
+-- `map_build::carving::carve` meets its contract: no seam at all, the planes before the first seam, one seam more, and the picture packed.
 use mathlib.Core.Path.{◌≡◌, refl, sym, ap, ◌∙◌}
 use mathlib.Core.List.{◌++◌}
 use Prim.Native.Nat.{ℕ, ◌-◌, ◌*◌, ◌≤◌}
@@ -12,9 +12,10 @@ use Rattle.pictures.specs.Pictures.{pixel_bytes, bytes, picture, picture_bytes, 
 use Rattle.seam_keep.specs.Keeping.{FillAsked, StepsAsked}
 use Rattle.pictures.proofs.Limits.{bytes-few}
 use Rattle.map_rules.specs.Spaces.{map_bytes}
+use Rattle.map_rules.proofs.Rooms.{picture_room}
 use Rattle.map_build.specs.Inner.Carving.{PlanesSized}
 use Rattle.map_build.proofs.Mapped.{there_of_size}
-use Rattle.map_build.proofs.Carved.{carved_start, carved_turn, map_is}
+use Rattle.map_build.proofs.Carved.{carved_none, carved_start, carved_turn, map_is}
 use Rattle.map_build.proofs.carving.carve.Goals as goal
 use Rattle.map_build.proofs.carving.carve.Goals.{After-split_at_mut-columns}
 
@@ -48,6 +49,15 @@ room c =
       c.split_at_mut-columns.ensures.back_len,
     )
 
+pub returns-then-depth-eq0 : goal.returns-then-depth-eq0
+returns-then-depth-eq0 c =
+    let a = c.args in
+    let z = a.allowed.size in
+    rw c.if-depth-eq0.true
+    (carved_none z a.method a.work.now c.clear.new.space (omega (arith, picture_room z, c.requires.room)) (λ i. omega (arith, c.type_inv.work i))
+    (c.clear.auto.space ∙ c.requires.map_long)
+    (c.clear.ensures ∙ ap (λ k. replicate k 0) (sym c.clear.auto.space)))
+
 pub loop-t-init : goal.loop-t-init
 loop-t-init c =
     let z = c.args.allowed.size in
@@ -61,7 +71,7 @@ loop-t-init c =
       room split,
       λ i. omega (arith, c.type_inv.map i),
       rw there
-          (carved_start z c.args.method c.split_at_mut-picture.result.0.now f.new.up f.new.left f.new.right c.fill_columns.new.columns c.clear.new.space
+          (carved_start z c.args.method c.split_at_mut-picture.result.0.now f.new.up f.new.left f.new.right c.fill_columns.new.columns c.clear-2.new.space
           record {
             sides = s.sides;
             picture_long = s.picture_long;
@@ -69,13 +79,13 @@ loop-t-init c =
             left_long = f.ensures.long.1 ∙ s.left_long;
             right_long = f.ensures.long.2 ∙ s.right_long;
             columns_long = c.fill_columns.ensures.long ∙ s.columns_long;
-            map_long = c.clear.auto.space ∙ s.map_long;
+            map_long = c.clear-2.auto.space ∙ s.map_long;
           }
           (f.ensures.up (asked _ s.up_long))
           (λ o. (f.ensures.steps o all).0)
           (λ o. (f.ensures.steps o all).1)
           c.fill_columns.ensures.all
-          (c.clear.ensures ∙ ap (λ k. replicate k 0) (sym c.clear.auto.space))),
+          (c.clear-2.ensures ∙ ap (λ k. replicate k 0) (sym c.clear-2.auto.space))),
     )
 
 pub loop-t-preserved : goal.loop-t-preserved
