@@ -1,6 +1,6 @@
 -- What reading gives of an accepted file, shown row by row at a width that it offers, is what showing the file gives.
 use mathlib.Core.Path.{◌≡◌, ap, ap₂, sym, ◌∙◌}
-use mathlib.Core.Bool.{true}
+use mathlib.Core.Bool.{true, false}
 use mathlib.Core.Option.{some}
 use mathlib.Core.List.{List, []}
 use Prim.Native.Nat.{ℕ, ◌*◌, ◌<◌}
@@ -52,3 +52,10 @@ module _ (f : List ℕ) (p : Parts) (a : Accepted f) (e : parse f ≡ some p) wh
 
       row_is : row_at (row_bytes p.head.size) r (bytes p.head.size.kind p.rows) ≡ row_out p.head.size.kind (get_or p.rows r [])
       row_is = bytes-row p.head.size.kind rows r l
+
+  -- And of the row that hosts are shown, where no last column is joined to the first: no method joins them.
+  pub host_rows_shown : (v : ℕ) → offers f v ≡ true → (r : ℕ) → r < p.head.size.height
+      → let z = p.head.size in
+      row_shown z.kind false (row_at (row_bytes z) r (bytes z.kind p.rows)) (row_at z.width r (flat p.maps)) v ≡ row_at (v * pixel_bytes z.kind) r (drawn_bytes (shows f v))
+  unfolding wrap_of
+  host_rows_shown v o r l = buffers_shown v o r l

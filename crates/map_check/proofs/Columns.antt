@@ -1,6 +1,6 @@
 -- The columns of the numbers of a row: each stored once the numbers ahead of it are counted.
 use mathlib.Core.Path.{◌≡◌, refl, sym, ap, ◌∙◌}
-use mathlib.Core.Bool.{Bool, true, false, not}
+use mathlib.Core.Bool.{Bool, true, false, cond, not}
 use mathlib.Core.List.{List, [], ◌∷◌, ◌++◌}
 use Prim.Native.Nat.{ℕ, zero, suc, ◌+◌, ◌≤◌, ◌<◌}
 use native.Mathlib.Numerals.{add-one}
@@ -31,6 +31,16 @@ column_after t (a ∷ xs) ys e = go (eqb a t) refl e (column_after t xs ys)
         → column_of t (a ∷ (xs ++ (t ∷ ys))) ≡ left_in t (a ∷ xs)
     go true q z ih = absurd (omega arith)
     go false q z ih = rw q (ap (tick (remains t a)) (ih z))
+
+-- It is at most the length of the row.
+pub column-most : (t : ℕ) (ys : List ℕ) → column_of t ys ≤ length ys
+column-most t [] = omega arith
+column-most t (v ∷ ys) = go (eqb v t) (remains t v) (column-most t ys)
+  where
+    go : (a b : Bool) → column_of t ys ≤ length ys → cond a 0 (tick b (column_of t ys)) ≤ suc (length ys)
+    go true b ih = omega arith
+    go false true ih = omega arith
+    go false false ih = omega arith
 
 -- One number more counted.
 count_snoc : (t v : ℕ) (xs : List ℕ) → count t (xs ++ (v ∷ [])) ≡ tick (eqb v t) (count t xs)

@@ -2,11 +2,12 @@
 use mathlib.Core.Path.{◌≡◌, refl, sym, ap, ap₂, ◌∙◌}
 use mathlib.Core.Logic.{⊎_elim}
 use mathlib.Core.List.{List, [], ◌∷◌, map, append-nil}
-use Prim.Native.Nat.{ℕ, ◌*◌, ◌≤◌, ◌<◌}
+use Prim.Native.Nat.{ℕ, ◌+◌, ◌*◌, ◌≤◌, ◌<◌}
 use native.Mathlib.Nat.{le_of_eq}
 use native.Mathlib.Omega.{arith}
 use lib.ListN.{length, get_or, length-map, get_or-eq_default}
 use lib.Seq.{take_all}
+use lib.Arith.{digits_lt}
 use Rattle.grids.specs.Each.{Each, Grid}
 use Rattle.grids.specs.Rows.{rows_of, flat, row_at, cells, flat_cells}
 use Rattle.grids.specs.Exchange.{exchange}
@@ -15,7 +16,7 @@ use Rattle.grids.proofs.Orders.{le-or-lt}
 use Rattle.grids.proofs.Shapes.{each-length, each_at, each_map, each_then, each_back, get_or-map}
 use Rattle.grids.proofs.Exchange.{exchange-each}
 use Rattle.grids.proofs.Maps.{cut-map, exchange-map}
-use Rattle.grids.proofs.Rows.{grid-rows_of, flat-rows_of, rows_of-flat, length-flat, rows_of_at, rows_of-past, length-row_at, length-rows_of, flat_at}
+use Rattle.grids.proofs.Rows.{grid-rows_of, flat-rows_of, rows_of-flat, length-flat, rows_of_at, rows_of-past, length-row_at, row_at_get_d, length-rows_of, flat_at}
 use Rattle.pictures.specs.declared.sizes.Kind.{Kind}
 use Rattle.pictures.specs.declared.sizes.Size.{Size}
 use Rattle.pictures.specs.Refusals.{refusal, served}
@@ -164,3 +165,12 @@ bytes_plain k p = ap flat (go p)
     go : (p : Picture) → map (row_out k) p ≡ map flat p
     go [] = refl
     go (x ∷ p) = ap₂ ◌∷◌ (row-out-plain k x) (go p)
+
+-- Sample k of the pixel in row r and column c, of a kind whose samples are a byte each: the bytes of a pixel are its samples then.
+pub sample_at : (z : Size) (b : List ℕ) → length b ≡ picture_bytes z → (r c k : ℕ) → r < z.height → c < z.width → k < channels_of z.kind
+    → get_or (pixel (picture z b) r c) k 0 ≡ get_or b (r * row_bytes z + (c * channels_of z.kind + k)) 0
+sample_at z b e r c k h l m =
+    let ch = channels_of z.kind in
+    ap (λ x. get_or x k 0) (pixel_plain z b e r c h)
+    ∙ row_at_get_d ch (row_at (row_bytes z) r b) c k 0 m
+    ∙ row_at_get_d (row_bytes z) b r (c * ch + k) 0 (rw (row_plain z) (digits_lt l m))

@@ -67,8 +67,18 @@ put_front {out} {bytes} {end} {out'} h p =
     let e : Some end ≡ Some (length bytes) = p.answer ∙ rw (z, le-leb (length bytes) (length out) h) in
     (cc, p.space ∙ rw (z, le-leb (length bytes) (length out) h))
 
-pub never_short : {out : List ℕ} {bytes out' : List ℕ} → length bytes ≤ length out → Put out 0 bytes None out' → ⊥
-never_short {out} {bytes} {out'} h p =
-    let z : 0 + length bytes ≡ length bytes = omega arith in
-    let e : ◌≡◌ {A = Option ℕ} None (Some (length bytes)) = p.answer ∙ rw (z, le-leb (length bytes) (length out) h) in
-    cc
+-- And at a place.
+module _ {out : List ℕ} {at : ℕ} {bytes out' : List ℕ} (room : at + length bytes ≤ length out) where
+  pub printed_next : {end : ℕ} → Put out at bytes (Some end) out' → (end ≡ at + length bytes) × (out' ≡ sets out at bytes)
+  printed_next {end} p =
+      let e : Some end ≡ Some (at + length bytes) = p.answer ∙ rw (le-leb (at + length bytes) (length out) room) in
+      let same : out' ≡ sets out at bytes =
+      p.space ∙ (rw (le-leb (at + length bytes) (length out) room) refl)
+      ∙ sym (sets-eq bytes out at room ∙ append_assoc (take at out) bytes (drop (at + length bytes) out))
+      in
+      (cc, same)
+
+  pub never_short : Put out at bytes None out' → ⊥
+  never_short p =
+      let e : ◌≡◌ {A = Option ℕ} None (Some (at + length bytes)) = p.answer ∙ rw (le-leb (at + length bytes) (length out) room) in
+      cc

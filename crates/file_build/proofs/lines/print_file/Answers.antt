@@ -1,5 +1,5 @@
 -- The text is the file's, and there is room for it.
-use Rattle.std.proofs.Common.{◌≤◌, List, ℕ, length, refl}
+use Rattle.std.proofs.Common.{◌≤◌, List, ℕ, length, refl, arith}
 use Rattle.std.specs.Prelude.{Option, None, Some, IsSome}
 use Rattle.text_theory.specs.Files.{text}
 use Rattle.text_print.specs.Prints.{Put}
@@ -8,7 +8,7 @@ use Rattle.file_build.proofs.lines.print_file.Goals as goal
 
 -- What has room is printed.
 printed : (r : Option ℕ) {out bytes out' : List ℕ} → length bytes ≤ length out → Put out 0 bytes r out' → IsSome r
-printed None h p = absurd (never_short h p)
+printed None h p = absurd (never_short (omega (arith, h)) p)
 printed (Some n) h p = refl
 
 pub unwrap-requires : goal.unwrap-requires

@@ -22,7 +22,7 @@ module _ (c : After-pixel_bytes) where
 
 -- What has room is printed.
 printed : (r : Option ℕ) {out bytes out' : List ℕ} → length bytes ≤ length out → Put out 0 bytes r out' → IsSome r
-printed None h p = absurd (never_short h p)
+printed None h p = absurd (never_short (omega (arith, h)) p)
 printed (Some n) h p = refl
 
 pub returns-in_err-size : goal.returns-in_err-size

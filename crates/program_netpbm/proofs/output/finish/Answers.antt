@@ -17,7 +17,7 @@ room why out e = omega (arith, refused-most (number_of why) (number-below why))
 
 -- What has room is printed.
 printed : (r : Option ℕ) {out bytes out' : List ℕ} → length bytes ≤ length out → Put out 0 bytes r out' → IsSome r
-printed None h p = absurd (never_short h p)
+printed None h p = absurd (never_short (omega (arith, h)) p)
 printed (Some n) h p = refl
 
 pub unwrap-requires : goal.unwrap-requires
