@@ -1,4 +1,6 @@
 // Files in spaces that just suffice and in spaces that are too short, and files that are damaged.
+ghost use Rattle.std.specs.Prelude.{◌≤◌};
+
 use crate::damaged::{LONGEST, Text};
 use crate::generated::{Source, bytes, pixels};
 use crate::{answers, damaged, files};
@@ -100,6 +102,8 @@ fn print_shows(stdout: Stdout, file: &[u8], head: Head) {
 }
 
 // One less, and not less than 0.
-fn less(n: usize) -> usize {
+fn less(n: usize) -> usize
+    ensures { result ≤ n }
+{
     n.saturating_sub(1)
 }
