@@ -1,5 +1,5 @@
 // Rows and columns exchanged, column by column.
-ghost use Rattle.std.specs.Prelude.{◌≡◌, ◌++◌, ◌*◌, drop};
+ghost use Rattle.std.specs.Prelude.{◌≡◌, ◌++◌, ◌*◌, length, drop};
 ghost use Rattle.grids.specs.Rows.{cells, flat_cells};
 ghost use Rattle.grids.specs.Exchange.{exchange};
 ghost use Rattle.pictures.specs.Pictures.{picture, bytes, pixel_bytes, picture_bytes};
@@ -55,6 +55,16 @@ fn put_cells<const N: usize>(from: &[u8], width: usize, height: usize, c: usize,
     for r in 0..height {
         let i = r * stride + left;
         let j = r * N;
-        out[j..j + N].copy_from_slice(&from[i..i + N]);
+        put_cell(&from[i..i + N], &mut out[j..j + N]);
+    }
+}
+
+// The bytes of a cell. By index, since nothing is promised of what is written through a zip.
+fn put_cell(from: &[u8], out: &mut [u8])
+    requires { length out.old ≡ length from.now }
+    ensures { out.new ≡ from.now }
+{
+    for (k, byte) in out.iter_mut().enumerate() {
+        *byte = from[k];
     }
 }

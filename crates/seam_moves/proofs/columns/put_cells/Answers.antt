@@ -11,11 +11,11 @@ loop-r-preserved g c =
     let a = c.args in
     let l = c.loop-r in
     let n = g.row.N in
-    let put = c.copy_from_slice in
+    let put = c.put_cell in
     record {
       within = omega arith;
-      long = same_len_mid (l.r * n) (l.r * n + n - l.r * n) l.out put.new.self put.auto.self ∙ l.invariant.long;
-      filled = cell-turn n a.width a.height a.from.now a.c a.out.now c.requires l.r l.out c.loop-r-test.true l.invariant.long put.new.self l.invariant.filled put.ensures.after;
+      long = same_len_mid (l.r * n) (l.r * n + n - l.r * n) l.out put.new.out put.auto.out ∙ l.invariant.long;
+      filled = cell-turn n a.width a.height a.from.now a.c a.out.now c.requires l.r l.out c.loop-r-test.true l.invariant.long put.new.out l.invariant.filled put.ensures;
     }
 
 pub returns : goal.returns
